@@ -13,7 +13,7 @@ use Rattle.board_model.specs.Tables.{board_at, board_named, has_name, holds_at, 
 use Rattle.board_model.specs.TableCalls.{has_all_nodes, number_of}
 use Rattle.board_model.specs.TypeTable.{same_type}
 use Rattle.board_model.proofs.ListLemmas.{any_found}
-use Rattle.board_service.specs.Domain.{CanJoin, Domain, Stands, held, is_thing, next_thing, stands_as, thing_or_none}
+use Rattle.board_service.specs.Domain.{Domain, Stands, held, is_thing, next_thing, stands_as, thing_or_none}
 use Rattle.board_service.specs.Facts.{AreDrawn, HasRoomFor, IsDomain, IsWithinLimits, board_number}
 use Rattle.board_service.proofs.LimitLemmas.{IsOfNode, number_found, room_of_factory, room_of_reader, room_of_writer, room_of_read_handle, room_of_write_handle}
 
@@ -159,15 +159,6 @@ write_handle_room d n entry port of key is holds of_is port_is =
     let stands = held_is_there d key thing_kind.Writer n holds in
     let own = subst (λ (t : Thing ℕ ℕ). HasRoomFor d (next_thing d t.holder t.board (kind.WriteHandle entry (port_of t.kind)))) (sym of_is) (room_for_write_handle d n entry key is stands holds) in
     subst (λ (p : ℕ). HasRoomFor d (next_thing d of.holder of.board (kind.WriteHandle entry p))) (sym port_is) own
-
-pub can_join : {C : Type 0} (d : Domain C) (node : ℕ) (name : List ℕ) (boards : List Board) (things : List (Thing ℕ ℕ)) → boards ≡ d.tables.boards → things ≡ d.tables.things
-    → is_some (find (has_name name) boards) ≡ true → holds_at (find (has_name name) boards) (has_all_nodes nat_eq node things) ≡ false → CanJoin nat_eq d.tables node name
-can_join d node name boards things boards_are things_are some may =
-    let by_boards = subst (λ (bs : List Board). holds_at (find (has_name name) bs) (has_all_nodes nat_eq node things) ≡ false) boards_are may in
-    record {
-      stands = subst (λ (bs : List Board). is_some (find (has_name name) bs) ≡ true) boards_are some;
-      nodes = subst (λ (ts : List (Thing ℕ ℕ)). holds_at (find (has_name name) d.tables.boards) (has_all_nodes nat_eq node ts) ≡ false) things_are by_boards;
-    }
 
 -- the board that was found by name has keys of this type, and so has the one with its number
 pub keys_found : {C : Type 0} (d : Domain C) (number : ℕ) (name : List ℕ) (boards : List Board) (key : TypeDetail) → IsDomain d → boards ≡ d.tables.boards → number ≡ number_of (find (has_name name) boards)

@@ -61,6 +61,8 @@ impl<C: Cells> DomainCore<C> {
         // Where nothing refuses it, `open_unrefused` may be called.
         ensures joins { IfNone result (domain.CanJoin nat_eq self.now.tables node name.now) }
         ensures below { IfNone result (self.now.last_thing < 2 ^ 64 - 2) }
+
+        // And the board's keys are of the type asked for.
         ensures alike { IfNone result (tables.holds_at (tables.board_named self.now.tables name.now)
             (λ b. same_type b.key (details K.type_bytes K.SIZE K.ALIGNMENT)) ≡ true) }
     {
@@ -91,6 +93,10 @@ impl<C: Cells> DomainCore<C> {
         // Where it would make one, `open_unrefused` may be called.
         ensures joins { OnOk result (domain.CanJoin nat_eq self.now.tables node name.now) }
         ensures below { OnOk result (self.now.last_thing < 2 ^ 64 - 2) }
+
+        // And the board's keys are of the type asked for.
+        ensures alike { OnOk result (tables.holds_at (tables.board_named self.now.tables name.now)
+            (λ b. same_type b.key (details K.type_bytes K.SIZE K.ALIGNMENT)) ≡ true) }
     {
         if let Some(why) = self.open_refusal::<K>(node, name, limits, verifier) {
             return Err(why);
