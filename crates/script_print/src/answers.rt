@@ -1,4 +1,4 @@
-//! The bytes of answers, which are added to a buffer of the caller's.
+//! Answers as bytes, written to the end of the caller's buffer.
 ghost use Rattle.std.specs.Prelude.{◌≡◌, ◌+◌, ◌<◌, ◌≤◌, ◌++◌, if◌then◌else◌, None, OnErr, OnOk, Some, codes, decimal, vec_capacity};
 ghost use Rattle.std.specs.List.{flat_map};
 ghost use Rattle.board_cell_model.specs.declared.access.Access.TheVariants as access;
@@ -14,7 +14,7 @@ use board_model::{Answer, Reason, Reply, ValueType};
 use itoa::Buffer;
 use std::alloc::AllocError;
 
-// Adds the digits of a number. That of a number below ten is added in place.
+// Adds a number. A single digit, the most frequent case, is pushed right here.
 #[inline(always)]
 pub(crate) fn push_digits(n: u64, out: &mut Vec<u8>) -> Result<(), AllocError>
     ensures ok { OnOk result (out.new.items ≡ out.old.items ++ decimal n) }
@@ -28,7 +28,7 @@ pub(crate) fn push_digits(n: u64, out: &mut Vec<u8>) -> Result<(), AllocError>
     push_more_digits(n, out)
 }
 
-// Adds the digits of a number of two digits or more, by one of two functions that stand apart, so that `push_digits` is short.
+// Adds a number of two or more digits. Both ways are calls, so that what inlines this stays short.
 #[inline(always)]
 fn push_more_digits(n: u64, out: &mut Vec<u8>) -> Result<(), AllocError>
     requires { 10 ≤ n }
@@ -42,7 +42,7 @@ fn push_more_digits(n: u64, out: &mut Vec<u8>) -> Result<(), AllocError>
     push_many_digits(n, out)
 }
 
-// Adds the digits of a number of two to four. They are copied in one go.
+// Adds a number of two to four digits, with one copy.
 #[inline(never)]
 fn push_few_digits(n: u64, out: &mut Vec<u8>) -> Result<(), AllocError>
     requires low { 10 ≤ n }
@@ -60,7 +60,7 @@ fn push_few_digits(n: u64, out: &mut Vec<u8>) -> Result<(), AllocError>
     push_four_digits(n, out)
 }
 
-// Adds the digits of any number, by way of a buffer.
+// Adds any number. Its digits are first written to a buffer, and copied from there.
 #[inline(never)]
 fn push_many_digits(n: u64, out: &mut Vec<u8>) -> Result<(), AllocError>
     ensures ok { OnOk result (out.new.items ≡ out.old.items ++ decimal n) }
@@ -71,7 +71,7 @@ fn push_many_digits(n: u64, out: &mut Vec<u8>) -> Result<(), AllocError>
     out.extend_from_slice(buffer.format(n).as_bytes())
 }
 
-// A digit as it is written.
+// The character of a digit.
 #[inline(always)]
 fn digit(n: u64) -> u8
     requires { n < 10 }
@@ -80,7 +80,7 @@ fn digit(n: u64) -> u8
     b'0' + n as u8
 }
 
-// Adds both digits of a number of two.
+// Adds a number of two digits.
 #[inline(always)]
 fn push_two_digits(n: u64, out: &mut Vec<u8>) -> Result<(), AllocError>
     requires low { 10 ≤ n }
@@ -92,7 +92,7 @@ fn push_two_digits(n: u64, out: &mut Vec<u8>) -> Result<(), AllocError>
     out.extend_from_slice(&[digit(n / 10), digit(n % 10)])
 }
 
-// Adds the digits of a number of three.
+// Adds a number of three digits.
 #[inline(always)]
 fn push_three_digits(n: u64, out: &mut Vec<u8>) -> Result<(), AllocError>
     requires low { 100 ≤ n }
@@ -104,7 +104,7 @@ fn push_three_digits(n: u64, out: &mut Vec<u8>) -> Result<(), AllocError>
     out.extend_from_slice(&[digit(n / 100), digit(n / 10 % 10), digit(n % 10)])
 }
 
-// Adds the digits of a number of four.
+// Adds a number of four digits.
 #[inline(always)]
 fn push_four_digits(n: u64, out: &mut Vec<u8>) -> Result<(), AllocError>
     requires low { 1000 ≤ n }
@@ -121,7 +121,7 @@ fn push_four_digits(n: u64, out: &mut Vec<u8>) -> Result<(), AllocError>
     ])
 }
 
-// Adds a space and the number. Of a number below ten both are added in one go.
+// Adds a space and a number. A single digit is copied together with the space.
 pub(crate) fn push_number(n: u64, out: &mut Vec<u8>) -> Result<(), AllocError>
     ensures ok { OnOk result (out.new.items ≡ out.old.items ++ number_text n) }
     ensures room { OnErr result (LacksRoomFor out.old (number_text n)) }
@@ -134,7 +134,7 @@ pub(crate) fn push_number(n: u64, out: &mut Vec<u8>) -> Result<(), AllocError>
     push_more_digits(n, out)
 }
 
-// Adds a place and its value behind a word.
+// Adds an access: its kind, and then board, word and value, such as `0:12 7`.
 #[inline(always)]
 fn push_place(
     kind: &[u8],
@@ -155,7 +155,7 @@ fn push_place(
     push_number(value, out)
 }
 
-// Adds a read of a word with a number of two digits, on one of the first boards.
+// Adds a read, where the board's number has one digit and the word's has two.
 #[inline(always)]
 fn push_read_of_two(board: u64, word: u64, value: u64, out: &mut Vec<u8>) -> Result<(), AllocError>
     requires board { board < 10 }
@@ -174,8 +174,8 @@ fn push_read_of_two(board: u64, word: u64, value: u64, out: &mut Vec<u8>) -> Res
     push_digits(value, out)
 }
 
-// Adds a read. Where its board is one of the first and its word has few digits, as most have, what stands before the value
-// is copied in one go.
+// Adds a read. The numbers of most boards have one digit, and those of most words one or two. Then all that comes before
+// the value is copied at once.
 #[inline(always)]
 fn push_read(board: u64, word: u64, value: u64, out: &mut Vec<u8>) -> Result<(), AllocError>
     ensures ok { OnOk result (out.new.items
@@ -196,7 +196,7 @@ fn push_read(board: u64, word: u64, value: u64, out: &mut Vec<u8>) -> Result<(),
     push_digits(value, out)
 }
 
-// Adds a write of a word with a number of two digits, on one of the first boards.
+// Adds a write, where the board's number has one digit and the word's has two.
 #[inline(always)]
 fn push_write_of_two(board: u64, word: u64, value: u64, out: &mut Vec<u8>) -> Result<(), AllocError>
     requires board { board < 10 }
@@ -215,7 +215,7 @@ fn push_write_of_two(board: u64, word: u64, value: u64, out: &mut Vec<u8>) -> Re
     push_digits(value, out)
 }
 
-// Adds a write, as `push_read` does a read.
+// Adds a write, with the same short ways as `push_read`.
 #[inline(always)]
 fn push_write(board: u64, word: u64, value: u64, out: &mut Vec<u8>) -> Result<(), AllocError>
     ensures ok { OnOk result (out.new.items
@@ -249,7 +249,7 @@ fn push_access(access: Access, out: &mut Vec<u8>) -> Result<(), AllocError>
     }
 }
 
-// Adds what ends the line of a step: what is told with the last one of a call, and the newline.
+// Ends the line of a step. If the step was the last of its call, the reply comes before the newline.
 #[inline(always)]
 fn push_end(reply: &Option<Reply>, out: &mut Vec<u8>) -> Result<(), AllocError>
     ensures ok { OnOk result (out.new.items ≡ out.old.items ++ (told_text reply.now ++ codes "\n")) }
@@ -266,7 +266,7 @@ fn push_end(reply: &Option<Reply>, out: &mut Vec<u8>) -> Result<(), AllocError>
     }
 }
 
-// Adds what is told with the last step of a call, and the newline.
+// Ends the line of the last step of a call, with its reply.
 #[inline(never)]
 fn push_told(reply: &Reply, out: &mut Vec<u8>) -> Result<(), AllocError>
     ensures ok { OnOk result (out.new.items ≡ out.old.items ++ (told_text (Some reply.now) ++ codes "\n")) }
@@ -279,7 +279,7 @@ fn push_told(reply: &Reply, out: &mut Vec<u8>) -> Result<(), AllocError>
     Ok(())
 }
 
-// Adds each number behind a space.
+// Adds numbers, with a space before each.
 pub(crate) fn push_numbers(numbers: &[u64], out: &mut Vec<u8>) -> Result<(), AllocError>
     ensures ok { OnOk result (out.new.items ≡ out.old.items ++ flat_map number_text numbers.now) }
     ensures room { OnErr result (LacksRoomFor out.old (flat_map number_text numbers.now)) }
@@ -291,10 +291,10 @@ pub(crate) fn push_numbers(numbers: &[u64], out: &mut Vec<u8>) -> Result<(), All
     Ok(())
 }
 
-/// Adds the line of an accepted begin.
+/// Adds the answer to a `begin` that was accepted.
 ///
 /// # Errors
-/// `AllocError` where memory is refused, and only where the buffer has no room for the line; then nothing is added.
+/// `AllocError` where the buffer has no room for the line and gets no memory. Nothing is added then.
 pub fn push_begun(out: &mut Vec<u8>) -> Result<(), AllocError>
     ensures ok { OnOk result (out.new.items ≡ out.old.items ++ answer_line answer.Begun) }
     ensures room { OnErr result (LacksRoomFor out.old (answer_line answer.Begun)) }
@@ -304,10 +304,10 @@ pub fn push_begun(out: &mut Vec<u8>) -> Result<(), AllocError>
     out.extend_from_slice(b"ok\n")
 }
 
-/// Adds the line of an accepted abandon.
+/// Adds the answer to an `abandon` that was accepted.
 ///
 /// # Errors
-/// `AllocError` where memory is refused, and only where the buffer has no room for the line; then nothing is added.
+/// `AllocError` where the buffer has no room for the line and gets no memory. Nothing is added then.
 pub fn push_gone(out: &mut Vec<u8>) -> Result<(), AllocError>
     ensures ok { OnOk result (out.new.items ≡ out.old.items ++ answer_line answer.Gone) }
     ensures room { OnErr result (LacksRoomFor out.old (answer_line answer.Gone)) }
@@ -317,10 +317,10 @@ pub fn push_gone(out: &mut Vec<u8>) -> Result<(), AllocError>
     out.extend_from_slice(b"gone\n")
 }
 
-/// Adds the line of a refusal.
+/// Adds the line of a refusal, which tells the reason.
 ///
 /// # Errors
-/// `AllocError` where memory is refused, and only where the buffer has no room for the line; then nothing is added.
+/// `AllocError` where the buffer has no room for the line and gets no memory. Nothing is added then.
 pub fn push_refused(reason: Reason, out: &mut Vec<u8>) -> Result<(), AllocError>
     ensures ok { OnOk result (out.new.items
         ≡ out.old.items ++ answer_line (answer.Refused reason)) }
@@ -331,10 +331,10 @@ pub fn push_refused(reason: Reason, out: &mut Vec<u8>) -> Result<(), AllocError>
     out.extend_from_slice(refusal_line(reason))
 }
 
-/// Adds the line of a step.
+/// Adds the line of a step: its access, and the reply if it was the last step of its call.
 ///
 /// # Errors
-/// `AllocError` where memory is refused, and only where the buffer has no room for the line; then a front of it may have been added.
+/// `AllocError` where the buffer has no room for the line and gets no memory. The beginning of the line may have been added then.
 pub fn push_step(access: Access, reply: &Option<Reply>, out: &mut Vec<u8>) -> Result<(), AllocError>
     ensures ok { OnOk result (out.new.items
         ≡ out.old.items ++ answer_line (answer.Step access reply.now)) }
@@ -346,10 +346,10 @@ pub fn push_step(access: Access, reply: &Option<Reply>, out: &mut Vec<u8>) -> Re
     push_end(reply, out)
 }
 
-/// Adds the line of a step that tells its access, and `ok` where its call is done.
+/// Adds the line of a step of a call whose reply is `ok`, once it is done.
 ///
 /// # Errors
-/// `AllocError` where memory is refused, and only where the buffer has no room for the line; then a front of it may have been added.
+/// `AllocError` where the buffer has no room for the line and gets no memory. The beginning of the line may have been added then.
 pub fn push_access_made(access: Access, is_done: bool, out: &mut Vec<u8>) -> Result<(), AllocError>
     ensures ok { OnOk result (out.new.items ≡ out.old.items
         ++ answer_line (answer.Step access (if is_done then Some reply.Done else None))) }
@@ -365,10 +365,10 @@ pub fn push_access_made(access: Access, is_done: bool, out: &mut Vec<u8>) -> Res
     Ok(())
 }
 
-/// Adds the line of the last step of a get.
+/// Adds the line of the last step of a get, whose reply is the value that was read.
 ///
 /// # Errors
-/// `AllocError` where memory is refused, and only where the buffer has no room for the line; then a front of it may have been added.
+/// `AllocError` where the buffer has no room for the line and gets no memory. The beginning of the line may have been added then.
 pub fn push_got(
     access: Access,
     value_type: ValueType,
@@ -389,10 +389,10 @@ pub fn push_got(
     Ok(())
 }
 
-/// Adds the line that lists these words.
+/// Adds the line that lists these words, as `words 1 2 3`.
 ///
 /// # Errors
-/// `AllocError` where memory is refused, and only where the buffer has no room for the line; then a front of it may have been added.
+/// `AllocError` where the buffer has no room for the line and gets no memory. The beginning of the line may have been added then.
 pub fn push_words(words: &[u64], out: &mut Vec<u8>) -> Result<(), AllocError>
     ensures ok { OnOk result (out.new.items
         ≡ out.old.items ++ answer_line (answer.Words words.now)) }
@@ -408,7 +408,7 @@ pub fn push_words(words: &[u64], out: &mut Vec<u8>) -> Result<(), AllocError>
 /// Adds the line of any answer.
 ///
 /// # Errors
-/// `AllocError` where memory is refused, and only where the buffer has no room for the line; then a front of it may have been added.
+/// `AllocError` where the buffer has no room for the line and gets no memory. The beginning of the line may have been added then.
 pub fn push_answer(answer: &Answer, out: &mut Vec<u8>) -> Result<(), AllocError>
     ensures ok { OnOk result (out.new.items ≡ out.old.items ++ answer_line answer.now) }
     ensures room { OnErr result (LacksRoomFor out.old (answer_line answer.now)) }

@@ -1,4 +1,4 @@
-//! The bytes of replies, which are added to a buffer of the caller's.
+//! Replies as bytes, written to the end of the caller's buffer.
 ghost use Rattle.std.specs.Prelude.{◌≡◌, ◌≤◌, ◌++◌, ◌∷◌, ◌==◌, OnErr, OnOk, decimal, map, slice_index, vec_capacity};
 ghost use Rattle.std.specs.List.{flat_map, join_with_byte};
 ghost use Rattle.board_model.specs.declared.answer.Reply.TheVariants as reply;
@@ -15,7 +15,7 @@ use crate::names::{
 use board_model::{Info, Key, Name, Reply, ValueType};
 use std::alloc::AllocError;
 
-// Adds each number behind a comma.
+// Adds numbers, with a comma before each.
 fn push_behind_commas(numbers: &[u64], out: &mut Vec<u8>) -> Result<(), AllocError>
     ensures ok { OnOk result (out.new.items ≡ out.old.items ++ flat_map comma_text numbers.now) }
     ensures room { OnErr result (LacksRoomFor out.old (flat_map comma_text numbers.now)) }
@@ -28,7 +28,7 @@ fn push_behind_commas(numbers: &[u64], out: &mut Vec<u8>) -> Result<(), AllocErr
     Ok(())
 }
 
-// Adds the numbers, which commas part.
+// Adds numbers, with commas between them.
 fn push_parted(numbers: &[u64], out: &mut Vec<u8>) -> Result<(), AllocError>
     ensures ok { OnOk result (out.new.items
         ≡ out.old.items ++ join_with_byte 44 (map decimal numbers.now)) }
@@ -54,7 +54,7 @@ fn is_false(words: &[u64]) -> bool
     }
 }
 
-// Adds a value of a type, by its words.
+// Adds a value, with its type before it. The words are the value's.
 fn push_value(value_type: ValueType, words: &[u64], out: &mut Vec<u8>) -> Result<(), AllocError>
     ensures ok { OnOk result (out.new.items ≡ out.old.items ++ words_text value_type words.now) }
     ensures room { OnErr result (LacksRoomFor out.old (words_text value_type words.now)) }
@@ -96,7 +96,7 @@ fn push_key(key: &Key, out: &mut Vec<u8>) -> Result<(), AllocError>
     }
 }
 
-// Adds each key behind a space.
+// Adds keys, with a space before each.
 fn push_keys(keys: &[Key], out: &mut Vec<u8>) -> Result<(), AllocError>
     ensures ok { OnOk result (out.new.items ≡ out.old.items ++ flat_map key_item_text keys.now) }
     ensures room { OnErr result (LacksRoomFor out.old (flat_map key_item_text keys.now)) }
@@ -109,7 +109,7 @@ fn push_keys(keys: &[Key], out: &mut Vec<u8>) -> Result<(), AllocError>
     Ok(())
 }
 
-// Adds each name behind a space.
+// Adds names, with a space before each.
 fn push_names(names: &[Name], out: &mut Vec<u8>) -> Result<(), AllocError>
     ensures ok { OnOk result (out.new.items ≡ out.old.items ++ flat_map name_item_text names.now) }
     ensures room { OnErr result (LacksRoomFor out.old (flat_map name_item_text names.now)) }
@@ -122,7 +122,7 @@ fn push_names(names: &[Name], out: &mut Vec<u8>) -> Result<(), AllocError>
     Ok(())
 }
 
-// Adds a word, and a number behind a space. Inlined, so that the word is copied as it stands there.
+// Adds a word, a space and a number. It is inlined because most words are literals, whose copy is then short.
 #[inline(always)]
 pub(crate) fn push_counted(word: &[u8], n: u64, out: &mut Vec<u8>) -> Result<(), AllocError>
     ensures ok { OnOk result (out.new.items ≡ out.old.items ++ (word.now ++ number_text n)) }
@@ -133,7 +133,7 @@ pub(crate) fn push_counted(word: &[u8], n: u64, out: &mut Vec<u8>) -> Result<(),
     push_number(n, out)
 }
 
-// Adds a text and another.
+// Adds one text and then the other.
 pub(crate) fn push_both(first: &[u8], second: &[u8], out: &mut Vec<u8>) -> Result<(), AllocError>
     ensures ok { OnOk result (out.new.items ≡ out.old.items ++ (first.now ++ second.now)) }
     ensures room { OnErr result (LacksRoomFor out.old (first.now ++ second.now)) }
@@ -143,7 +143,7 @@ pub(crate) fn push_both(first: &[u8], second: &[u8], out: &mut Vec<u8>) -> Resul
     out.extend_from_slice(second)
 }
 
-// Adds how much a board has, and what is taken of it.
+// Adds how many entries and attributes a board has, and how many readers, writers and nodes use it.
 fn push_counts(info: &Info, out: &mut Vec<u8>) -> Result<(), AllocError>
     ensures ok { OnOk result (out.new.items ≡ out.old.items ++ counts_text info.now) }
     ensures room { OnErr result (LacksRoomFor out.old (counts_text info.now)) }
@@ -169,7 +169,7 @@ fn push_info(info: &Info, out: &mut Vec<u8>) -> Result<(), AllocError>
     push_counts(info, out)
 }
 
-// Adds a value that was read, and its generation.
+// Adds the value that a get has read, and its generation.
 pub(crate) fn push_value_read(
     value_type: ValueType,
     words: &[u64],
@@ -186,7 +186,7 @@ pub(crate) fn push_value_read(
     push_counted(b" gen", generation, out)
 }
 
-// Adds what a finished call is told.
+// Adds the reply to a call.
 pub(crate) fn push_reply(reply: &Reply, out: &mut Vec<u8>) -> Result<(), AllocError>
     ensures ok { OnOk result (out.new.items ≡ out.old.items ++ reply_text reply.now) }
     ensures room { OnErr result (LacksRoomFor out.old (reply_text reply.now)) }
