@@ -56,18 +56,31 @@ loan_handle m party lent x words e =
 abbrev a_thing : Held → Option Held
 a_thing x = Some x
 
-loan_thing : {C : Type 0} (m : BoardMachine C) (party lent : List ℕ) (x : Held) (o : Option (Held × List (Option ℕ))) → loan_held m party lent ≡ o → option_map (λ l. l.0) o ≡ a_thing x → IsHandle m x
-loan_thing m party lent x None f e = absurd cc
-loan_thing m party lent x (Some l) f e =
-    let q : l.0 ≡ x = cc in
-    subst (IsHandle m) q (loan_handle m party lent l.0 l.1 f)
+-- the words of a loan whose thing was found
+pub record HasWords {C : Type 0} (m : BoardMachine C) (party lent : List ℕ) (x : Held) : Type 0 where
+  pub words : List (Option ℕ)
+  pub held : loan_held m party lent ≡ a_loan x words
+
+pub found_loan : {C : Type 0} (m : BoardMachine C) (party lent : List ℕ) (x : Held) → option_map (λ l. l.0) (loan_held m party lent) ≡ a_thing x → HasWords m party lent x
+found_loan m party lent x e = at (loan_held m party lent) refl e
+  where
+    at : (o : Option (Held × List (Option ℕ))) → loan_held m party lent ≡ o → option_map (λ l. l.0) o ≡ a_thing x → HasWords m party lent x
+    at None f e = absurd cc
+    at (Some l) f e =
+        let q : l.0 ≡ x = cc in
+        record { words = l.1; held = f ∙ ap (λ (y : Held). a_loan y l.1) q }
+
+pub loan_thing : {C : Type 0} (m : BoardMachine C) (party lent : List ℕ) (x : Held) → option_map (λ l. l.0) (loan_held m party lent) ≡ a_thing x → IsHandle m x
+loan_thing m party lent x e =
+    let it = found_loan m party lent x e in
+    loan_handle m party lent x it.words it.held
 
 -- what a call writes is a handle
 pub written_handle : {C : Type 0} (m : BoardMachine C) (party : List ℕ) (c : Call) (x : Held) → written_by m party c ≡ Some x → IsHandle m x
 written_handle m party (call.Update h v) x e = unlent_handle m party h x e
-written_handle m party (call.Put l i w) x e = loan_thing m party l x (loan_held m party l) refl e
-written_handle m party (call.Publish l h) x e = loan_thing m party l x (loan_held m party l) refl e
-written_handle m party (call.Fill l h v) x e = loan_thing m party l x (loan_held m party l) refl e
+written_handle m party (call.Put l i w) x e = loan_thing m party l x e
+written_handle m party (call.Publish l h) x e = loan_thing m party l x e
+written_handle m party (call.Fill l h v) x e = loan_thing m party l x e
 written_handle m party c x e = absurd cc
 
 -- the thing that was found, whatever its kind was asked to be

@@ -20,7 +20,7 @@ use board_model::{
     AddedEntries, Answer, Attributes, BoardName, Call, Key, KeyType, Kind, Limits, Name, Reason,
     Requirements, ThingKind, Value, ValueType, have_key_type, type_of,
 };
-use board_ports::{CellShape, ReadCore, WriteCore};
+use board_ports::{CellShape, ReadCore};
 use board_service::{BoardWords, EntryRow, KeptType};
 use script_parties::{FoundThing, Held};
 use std::alloc::AllocError;
@@ -80,18 +80,6 @@ fn read_core(entry: &EntryRow) -> ReadCore
     ReadCore {
         shape: entry.cell.shape(),
         entry_id: entry.cell.place,
-    }
-}
-
-/// What a write handle of an entry knows at this generation.
-pub(crate) fn write_core(entry: &EntryRow, generation: u64) -> WriteCore
-    ensures shape { result.shape ≡ cell_shape entry.now.cell }
-    ensures generation { result.generation ≡ generation }
-{
-    WriteCore {
-        shape: entry.cell.shape(),
-        entry_id: entry.cell.place,
-        generation,
     }
 }
 
@@ -466,10 +454,8 @@ impl<C: BoardWords + Drop> BoardMachine<C> {
                 self.parties.put(party, task)?;
                 Ok(None)
             }
-            Err(not_begun) => match not_begun {
-                NotBegun::Refused(why) => Ok(Some(why)),
-                NotBegun::OutOfMemory => Err(AllocError),
-            },
+            Err(NotBegun::Refused(why)) => Ok(Some(why)),
+            Err(NotBegun::OutOfMemory) => Err(AllocError),
         }
     }
 

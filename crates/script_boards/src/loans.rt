@@ -1,22 +1,35 @@
 //! Loans: write handles that are out, and the words that were put.
 ghost use Rattle.std.specs.Prelude.{◌≡◌, ◌<◌, Option, None, IfOk, OnOk, option_map};
+ghost use Rattle.board_layout.specs.Layout.{cell_shape};
 ghost use Rattle.board_model.specs.declared.answer.Reply.TheVariants as reply;
 ghost use Rattle.board_model.specs.declared.line.Call.TheVariants as call;
 ghost use Rattle.script_boards.specs.Begins.{Checks, HasGeneration, HasNoTask, loan_held};
 ghost use Rattle.script_boards.specs.LoanCalls.{CanSettle, HasLoanWord, IsGivenBack, IsLoaned, IsSettled, IsWordPut};
 ghost use Rattle.script_boards.specs.Machine.{IsLed};
 
-use crate::begin::{is_value_of, require, write_core};
+use crate::begin::{is_value_of, require};
 use crate::lookups::set_word;
 use crate::machine::{BoardMachine, TableTask, Task};
 use crate::not_begun::NotBegun;
 use crate::value_update::ValueUpdate;
 use board_model::{Name, Reason, Reply, ThingKind, Value};
-use board_ports::LoanCore;
-use board_service::BoardWords;
+use board_ports::{LoanCore, WriteCore};
+use board_service::{BoardWords, EntryRow};
 use script_parties::Held;
 use script_seats::{Seat, forget, put};
 use std::alloc::AllocError;
+
+// What a write handle of an entry knows at this generation.
+fn write_core(entry: &EntryRow, generation: u64) -> WriteCore
+    ensures shape { result.shape ≡ cell_shape entry.now.cell }
+    ensures generation { result.generation ≡ generation }
+{
+    WriteCore {
+        shape: entry.cell.shape(),
+        entry_id: entry.cell.place,
+        generation,
+    }
+}
 
 impl<C: BoardWords + Drop> BoardMachine<C> {
     // The write handle that a loan of the party is, and its words.
@@ -136,7 +149,7 @@ impl<C: BoardWords + Drop> BoardMachine<C> {
             generation }
         ensures { Checks self.now party.now (call.Fill loan handle value) result }
     {
-        let Some((found, _)) = self.loan_held(party, &loan) else {
+        let Some(found) = self.thing_of_loan(party, &loan) else {
             return Err(NotBegun::Refused(Reason::Unknown));
         };
         let entry = self.entry_held(&found);

@@ -1,13 +1,9 @@
-use Rattle.std.proofs.Common.{◌≡◌, ℕ, List, true, false, rules, Option, Some}
+use Rattle.std.proofs.Common.{◌≡◌, true, false, rules, Some}
 use Rattle.board_model.specs.declared.answer.Reason.TheVariants as reason
-use Rattle.board_model.specs.Things.{Held}
 use Rattle.script_boards.specs.Begins.{holds, loan_held}
 use Rattle.script_boards.proofs.CallChecks.{not_false, refused_for}
-use Rattle.script_boards.proofs.LoanChecks.{discard_begins, discard_taken, loan_entry}
+use Rattle.script_boards.proofs.LoanChecks.{a_loan, discard_begins, discard_taken, loan_entry}
 use Rattle.script_boards.proofs.machine.BoardMachine.check_discard.Goals as goal
-
-abbrev a_loan : Held → List (Option ℕ) → Option (Held × List (Option ℕ))
-a_loan x words = Some (x, words)
 
 pub returns-in_err-require_free : goal.returns-in_err-require_free
 returns-in_err-require_free g c =

@@ -1,17 +1,14 @@
 use Rattle.std.proofs.Common.{◌≡◌, ℕ, ◌+◌, ◌<◌, ◌^◌, List, rules, sym, ap, subst, ◌∙◌, Option, true, false}
 use Rattle.board_layout.specs.declared.shape.CellShape.{CellShape}
-use Rattle.board_cell.specs.Calls.{Publishing}
 use Rattle.board_model.specs.Tables.{entry_of}
 use Rattle.board_model.specs.LawfulSession.{all_put}
 use Rattle.script_boards.specs.Begins.{holds, loan_held}
 use Rattle.script_boards.proofs.Bounds.{bounded}
 use Rattle.script_boards.proofs.CallChecks.{counter_is_low}
 use Rattle.script_boards.proofs.LoanChecks.{a_loan, lent_width, loan_counter, publish_begins}
+use Rattle.board_ports.specs.EntryCalls.{publish_of}
 use Rattle.board_ports.specs.Loans.{LoanSeen}
 use Rattle.script_boards.proofs.machine.BoardMachine.check_publish.Goals as goal
-
-abbrev a_publish : CellShape → ℕ → Publishing
-a_publish x g = record { shape = x; generation = g; done = false }
 
 pub lent-core-requires : goal.lent-core-requires
 lent-core-requires g c =
@@ -41,5 +38,5 @@ returns g c =
     let all : all_put words ≡ true = subst (λ (ws : List (Option ℕ)). all_put ws ≡ true) (ap (λ (l : LoanSeen). l.words) c.lent-core.ensures) filled in
     λ s rep sound.
     publish_begins m s rep party sound x entry c.entry_held-entry.ensures c.args.loan words held c.args.handle untaken all c.args.generation counter c.publish.result
-    (c.publish.ensures ∙ ap (λ (g : ℕ). a_publish c.lent-core.result.handle.shape g) (ap (λ (l : LoanSeen). l.handle.generation) c.lent-core.ensures ∙ c.write_core.ensures.generation)
-    ∙ ap (λ (y : CellShape). a_publish y c.args.generation) (ap (λ (l : LoanSeen). l.handle.shape) c.lent-core.ensures ∙ c.write_core.ensures.shape))
+    (c.publish.ensures ∙ ap (λ (g : ℕ). publish_of c.lent-core.result.handle.shape g) (ap (λ (l : LoanSeen). l.handle.generation) c.lent-core.ensures ∙ c.write_core.ensures.generation)
+    ∙ ap (λ (y : CellShape). publish_of y c.args.generation) (ap (λ (l : LoanSeen). l.handle.shape) c.lent-core.ensures ∙ c.write_core.ensures.shape))

@@ -1,16 +1,13 @@
-use Rattle.std.proofs.Common.{◌≡◌, ℕ, zero, suc, ◌<◌, ◌≤◌, ◌^◌, rules, arith, sym, ap, subst, ◌∙◌, Some, None, false}
+use Rattle.std.proofs.Common.{◌≡◌, ℕ, zero, suc, ◌<◌, ◌≤◌, ◌^◌, rules, arith, sym, ap, subst, ◌∙◌, Some, None}
 use Rattle.board_layout.specs.declared.shape.CellShape.{CellShape}
 use Rattle.board_layout.specs.Layout.{cell_end}
-use Rattle.board_cell.specs.Calls.{Putting}
+use Rattle.board_cell.specs.Calls.{Putting, put_at}
 use Rattle.board_model.specs.Tables.{entry_of}
 use Rattle.script_boards.specs.Begins.{loan_held}
 use Rattle.script_boards.proofs.CallChecks.{cell_is_low}
 use Rattle.script_boards.proofs.LoanChecks.{a_loan, lent_width, loan_counter, put_begins}
 use Rattle.board_ports.specs.Loans.{LoanSeen}
 use Rattle.script_boards.proofs.machine.BoardMachine.check_put.Goals as goal
-
-abbrev a_put : CellShape → ℕ → ℕ → ℕ → Putting
-a_put x g index word = record { shape = x; generation = g; index = index; word = word; done = false }
 
 pub lent-core-requires : goal.lent-core-requires
 lent-core-requires g c =
@@ -47,5 +44,5 @@ returns g c =
     let below : c.args.index < entry.cell.words = subst (λ (y : CellShape). c.args.index < y.words) (ap (λ (l : LoanSeen). l.handle.shape) c.lent-core.ensures ∙ c.write_core.ensures.shape) inside in
     λ s rep sound.
     put_begins m s rep party sound x entry c.entry_held-entry.ensures c.args.loan words held c.args.index c.args.word below c.args.generation counter c.in-Some-put.call
-    (c.in-Some-put.ensures.call ∙ ap (λ (g : ℕ). a_put c.lent-core.result.handle.shape g c.args.index c.args.word) (ap (λ (l : LoanSeen). l.handle.generation) c.lent-core.ensures ∙ c.write_core.ensures.generation)
-    ∙ ap (λ (y : CellShape). a_put y c.args.generation c.args.index c.args.word) (ap (λ (l : LoanSeen). l.handle.shape) c.lent-core.ensures ∙ c.write_core.ensures.shape))
+    (c.in-Some-put.ensures.call ∙ ap (λ (g : ℕ). put_at c.lent-core.result.handle.shape g c.args.index c.args.word) (ap (λ (l : LoanSeen). l.handle.generation) c.lent-core.ensures ∙ c.write_core.ensures.generation)
+    ∙ ap (λ (y : CellShape). put_at y c.args.generation c.args.index c.args.word) (ap (λ (l : LoanSeen). l.handle.shape) c.lent-core.ensures ∙ c.write_core.ensures.shape))

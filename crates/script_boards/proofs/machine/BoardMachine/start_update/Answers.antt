@@ -1,7 +1,7 @@
-use Rattle.std.proofs.Common.{◌≡◌, ℕ, ◌<◌, ◌^◌, List, rules, refl, sym, ap, subst, ◌∙◌, true}
+use Rattle.std.proofs.Common.{◌≡◌, ◌<◌, ◌^◌, rules, refl, sym, ap, subst, ◌∙◌, true}
 use Rattle.board_layout.specs.declared.shape.CellShape.{CellShape}
 use Rattle.board_layout.specs.Layout.{cell_end, cell_shape}
-use Rattle.board_cell.specs.Calls.{Updating}
+use Rattle.board_cell.specs.Calls.{publication}
 use Rattle.board_model.specs.declared.tables.Entry.{Entry}
 use Rattle.board_model.specs.Tables.{entry_of}
 use Rattle.board_model.specs.TypeTable.{same_type, type_of, value_detail, value_words}
@@ -11,9 +11,6 @@ use Rattle.script_boards.proofs.Bounds.{bounded}
 use Rattle.script_boards.proofs.CallChecks.{cell_is_low, counter_is_low, entry_has_counter, found_in, unlent_handle, update_begins, value_fits}
 use Rattle.script_boards.proofs.LoadedCounters.{has_counter_word, is_counter}
 use Rattle.script_boards.proofs.machine.BoardMachine.start_update.Goals as goal
-
-abbrev an_update : CellShape → ℕ → List ℕ → Updating
-an_update x g words = record { shape = x; generation = g; words = words; written = 0 }
 
 pub load-generation-requires : goal.load-generation-requires
 load-generation-requires g c =
@@ -53,7 +50,7 @@ returns-clause-checks g c =
     let t : same_type (value_detail (type_of c.args.value)) e.value ≡ true = search rules in
     let it = found_in (handle_held m c.args.party.now c.args.handle.now) x (sym c.handle_found.ensures ∙ c.in-Some.is) in
     λ s rep sound. update_begins m s rep sound x.board (entry_of x.kind) e c.entry_found-entry.ensures c.args.party.now c.args.handle.now it.thing c.args.value c.load-generation.result (value_words c.args.value) c.new.result
-    (c.new.ensures ∙ ap (λ (y : CellShape). an_update y c.load-generation.result (value_words c.args.value)) (c.shape-shape.ensures ∙ ap (λ (e : Entry). cell_shape e.cell) c.entry.view_is)) (ap (λ (y : FoundThing). y.board) it.is) (ap (λ (y : FoundThing). entry_of y.kind) it.is) it.there t
+    (c.new.ensures ∙ ap (λ (y : CellShape). publication y c.load-generation.result (value_words c.args.value)) (c.shape-shape.ensures ∙ ap (λ (e : Entry). cell_shape e.cell) c.entry.view_is)) (ap (λ (y : FoundThing). y.board) it.is) (ap (λ (y : FoundThing). entry_of y.kind) it.is) it.there t
     (is_counter m x.board (entry_of x.kind) e c.entry_found-entry.ensures c.shape-shape.result (c.shape-shape.ensures ∙ ap (λ (e : Entry). cell_shape e.cell) c.entry.view_is) c.load-generation.result c.load-generation.ensures.value) refl
 
 pub entry_found-entry-requires-clause-held : goal.entry_found-entry-requires-clause-held
