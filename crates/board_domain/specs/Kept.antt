@@ -8,12 +8,12 @@ use Rattle.board_service.specs.declared.told.StaticConfig.{StaticConfig}
 use Rattle.board_service.specs.Entries.{as_added}
 use Rattle.board_service.specs.Told.{config}
 use Rattle.board_handles.specs.BoardEnds.{Core}
+use Rattle.board_domain.specs.declared.kept.Asked.{Asked}
 use Rattle.board_domain.specs.declared.kept.Kept.{Kept}
-use Rattle.board_domain.specs.declared.kept.NewBoard.{NewBoard}
 use Rattle.board_domain.specs.Services.{CreatorSeen}
 
 -- what callers see of the board that a creator asks for
-abbrev pub seen_of : NewBoard → CreatorSeen
+abbrev pub seen_of : Asked → CreatorSeen
 seen_of asked = record { node = asked.node; name = asked.name; limits = asked.limits; entries = map as_added asked.entries.items }
 
 abbrev pub kept_made : Kept → Made

@@ -12,7 +12,7 @@ ghost use Rattle.board_service.specs.Facts.{IsHeldAs};
 ghost use Rattle.board_domain.specs.Services.{AddsEntry, new_creator, allowing_readers, allowing_nodes, allowing_writers, factory_made};
 ghost use Rattle.board_domain.specs.Factories.{KeepsBoard};
 
-use crate::kept::{NewBoard, new_board};
+use crate::kept::{Asked, new_board};
 use crate::port_factory::PortFactory;
 use board_concepts::AttributeSpecifier;
 use board_handles::{Domain, DomainState};
@@ -29,7 +29,7 @@ use std::sync::Wait;
 /// Clauses see the node that asks, the name, the limits, and the entries so far.
 #[derive(Drop)]
 pub struct Creator<K: BoardKey, P> {
-    asked: NewBoard,
+    asked: Asked,
     alloc: Global,
     domain: Domain,
     marker: PhantomData<(K, P)>,
@@ -70,7 +70,7 @@ impl<K: BoardKey, P> Creator<K, P> {
             max_writers: None,
         };
         Creator {
-            asked: NewBoard {
+            asked: Asked {
                 node,
                 name,
                 limits,

@@ -29,7 +29,7 @@ pub(crate) struct Kept {
 
 /// What a new board is asked to be, but for its attributes: the node that asks, the name, the limits, and the entries so far.
 #[derive(Drop)]
-pub(crate) struct NewBoard {
+pub(crate) struct Asked {
     pub(crate) node: NodeId,
     pub(crate) name: ServiceName,
     pub(crate) limits: NewLimits,
@@ -86,7 +86,7 @@ fn kept_of(tables: &DomainCore<BoardCells>, made: Made) -> Result<Kept, AllocErr
 /// As the tables' `create`. All stays as it was.
 pub(crate) fn new_board<K: BoardKey>(
     state: &mut DomainState,
-    asked: NewBoard,
+    asked: Asked,
     attributes: AttributeSet,
 ) -> Result<Kept, BlackboardCreateError>
     requires size { 0 < length (seen_of asked).entries → K.SIZE ≤ 64 }
