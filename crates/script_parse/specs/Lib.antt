@@ -1,3 +1,4 @@
 pub mod Tokens
 pub mod Kept
 pub mod Short
+pub mod CallReading

@@ -1,5 +1,6 @@
 //! Names, numbers, types and keys, each from one token.
-ghost use Rattle.std.specs.Prelude.{◌≡◌, ◌∷◌, [], Some};
+ghost use Rattle.std.specs.Prelude.{◌≡◌, ◌≤◌, ◌-◌, ◌∷◌, [], Some, length};
+ghost use Rattle.std.specs.Char.{is_ascii_digit};
 ghost use Rattle.std.specs.List.{list_all};
 ghost use Rattle.board_model.specs.LineGrammar.{is_name, is_name_byte, is_visible, is_visible_byte};
 ghost use Rattle.script_grammar.specs.TokenReading.{guard, is_plain_numeral, read_digits, read_key, read_key_type, read_name, read_number, read_value_type};
@@ -7,6 +8,9 @@ ghost use Rattle.script_grammar.specs.TokenReading.{guard, is_plain_numeral, rea
 use crate::bytes::{beside, bytes_behind};
 use board_layout::Text;
 use board_model::{Key, KeyType, Name, ValueType};
+
+// A number of so many digits has at most 64 bits.
+const FEW_DIGITS: usize = 19;
 
 // A number up to this one has at most 64 bits with any digit behind it.
 const MOST_BEFORE_DIGIT: u64 = 1844674407370955160;
@@ -126,7 +130,37 @@ fn is_plain(text: &[u8]) -> bool
     }
 }
 
+// The value of a digit.
+#[inline(always)]
+fn digit_of(b: u8) -> Option<u64>
+    ensures { result ≡ guard (is_ascii_digit b) (Some (b - 48)) }
+{
+    if b < b'0' || b > b'9' {
+        return None;
+    }
+    Some(u64::from(b - b'0'))
+}
+
+// The value of digits that are so few that it has at most 64 bits. They are read by twos.
+fn few_digits_value(text: &[u8]) -> Option<u64>
+    requires { length text.now ≤ FEW_DIGITS }
+    ensures { result ≡ read_digits text.now }
+{
+    let mut n: u64 = 0;
+    let mut left = text;
+    while let [a, b, rest @ ..] = left {
+        n = 10 * n + digit_of(*a)?;
+        n = 10 * n + digit_of(*b)?;
+        left = rest;
+    }
+    match left {
+        [last] => Some(10 * n + digit_of(*last)?),
+        _ => Some(n),
+    }
+}
+
 // The value of digits, where it has at most 64 bits.
+#[inline(never)]
 fn digits_value(text: &[u8]) -> Option<u64>
     ensures { result ≡ read_digits text.now }
 {
@@ -151,6 +185,9 @@ pub fn number_of(text: &[u8]) -> Option<u64>
 {
     if !is_plain(text) {
         return None;
+    }
+    if text.len() <= FEW_DIGITS {
+        return few_digits_value(text);
     }
     digits_value(text)
 }

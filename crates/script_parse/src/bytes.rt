@@ -20,6 +20,7 @@ pub fn place_of(bytes: &[u8], wanted: u8) -> Option<usize>
 }
 
 // Whether the text is the word.
+#[inline(always)]
 pub(crate) fn is_word(text: &[u8], word: &[u8]) -> bool
     ensures { result ≡ bytes_eq text.now word.now }
 {

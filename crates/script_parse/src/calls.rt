@@ -2,6 +2,7 @@
 ghost use Rattle.std.specs.Prelude.{◌≡◌, Some, IfErr, IfOk};
 ghost use Rattle.board_model.specs.Requests.{and_then};
 ghost use Rattle.script_grammar.specs.LineReading.{read_call, read_create, read_entry_parts, read_fill, read_get, read_name_if_any, read_needs, read_named_call, read_one_name, read_open, read_plain_call, read_put, read_two_names, read_update};
+ghost use Rattle.script_parse.specs.CallReading.{read_discard, read_entry, read_entrymut, read_fresh, read_gen, read_id, read_info, read_keys, read_loan, read_nodes, read_publish, read_reader, read_writer};
 ghost use Rattle.script_parse.specs.Kept.{board_made};
 ghost use Rattle.script_parse.specs.Tokens.{left_behind, rest_where};
 
@@ -63,6 +64,7 @@ fn entry_parts(tokens: &mut Tokens) -> Option<(Name, Name, Key, ValueType)>
 }
 
 #[tactic(auto, unfolding(script_grammar::specs::LineReading::read_get))]
+#[inline(never)]
 fn get_of(tokens: &mut Tokens) -> Option<Call>
     ensures { result ≡ read_get tokens.old }
 {
@@ -72,6 +74,7 @@ fn get_of(tokens: &mut Tokens) -> Option<Call>
 }
 
 #[tactic(auto, unfolding(script_grammar::specs::LineReading::read_update))]
+#[inline(never)]
 fn update_of(tokens: &mut Tokens) -> Option<Call>
     ensures { result ≡ read_update tokens.old }
 {
@@ -82,6 +85,7 @@ fn update_of(tokens: &mut Tokens) -> Option<Call>
 }
 
 #[tactic(auto, unfolding(script_grammar::specs::LineReading::read_put))]
+#[inline(never)]
 fn put_of(tokens: &mut Tokens) -> Option<Call>
     ensures { result ≡ read_put tokens.old }
 {
@@ -93,6 +97,7 @@ fn put_of(tokens: &mut Tokens) -> Option<Call>
 }
 
 #[tactic(auto, unfolding(script_grammar::specs::LineReading::read_fill))]
+#[inline(never)]
 fn fill_of(tokens: &mut Tokens) -> Option<Call>
     ensures { result ≡ read_fill tokens.old }
 {
@@ -107,80 +112,173 @@ fn fill_of(tokens: &mut Tokens) -> Option<Call>
     })
 }
 
+// Each call is read by a function of its own, so that the one that picks has little to set up.
+#[inline(never)]
+fn reader_of(tokens: &mut Tokens) -> Option<Call>
+    ensures { result ≡ read_reader tokens.old }
+{
+    let (reader, factory) = two_names(tokens)?;
+    Some(Call::Reader { reader, factory })
+}
+
+#[inline(never)]
+fn writer_of(tokens: &mut Tokens) -> Option<Call>
+    ensures { result ≡ read_writer tokens.old }
+{
+    let (writer, factory) = two_names(tokens)?;
+    Some(Call::Writer { writer, factory })
+}
+
+#[inline(never)]
+fn fresh_of(tokens: &mut Tokens) -> Option<Call>
+    ensures { result ≡ read_fresh tokens.old }
+{
+    let (handle, value) = two_names(tokens)?;
+    Some(Call::Fresh { handle, value })
+}
+
+#[inline(never)]
+fn loan_of(tokens: &mut Tokens) -> Option<Call>
+    ensures { result ≡ read_loan tokens.old }
+{
+    let (loan, handle) = two_names(tokens)?;
+    Some(Call::Loan { loan, handle })
+}
+
+#[inline(never)]
+fn discard_of(tokens: &mut Tokens) -> Option<Call>
+    ensures { result ≡ read_discard tokens.old }
+{
+    let (loan, handle) = two_names(tokens)?;
+    Some(Call::Discard { loan, handle })
+}
+
+#[inline(never)]
+fn publish_of(tokens: &mut Tokens) -> Option<Call>
+    ensures { result ≡ read_publish tokens.old }
+{
+    let (loan, handle) = two_names(tokens)?;
+    Some(Call::Publish { loan, handle })
+}
+
+#[inline(never)]
+fn gen_of(tokens: &mut Tokens) -> Option<Call>
+    ensures { result ≡ read_gen tokens.old }
+{
+    let handle = one_name(tokens)?;
+    Some(Call::Gen { handle })
+}
+
+#[inline(never)]
+fn keys_of(tokens: &mut Tokens) -> Option<Call>
+    ensures { result ≡ read_keys tokens.old }
+{
+    let factory = one_name(tokens)?;
+    Some(Call::Keys { factory })
+}
+
+#[inline(never)]
+fn nodes_of(tokens: &mut Tokens) -> Option<Call>
+    ensures { result ≡ read_nodes tokens.old }
+{
+    let factory = one_name(tokens)?;
+    Some(Call::Nodes { factory })
+}
+
+#[inline(never)]
+fn info_of(tokens: &mut Tokens) -> Option<Call>
+    ensures { result ≡ read_info tokens.old }
+{
+    let factory = one_name(tokens)?;
+    Some(Call::Info { factory })
+}
+
+#[inline(never)]
+fn id_of(tokens: &mut Tokens) -> Option<Call>
+    ensures { result ≡ read_id tokens.old }
+{
+    let thing = one_name(tokens)?;
+    Some(Call::Id { thing })
+}
+
+#[inline(never)]
+fn entry_of(tokens: &mut Tokens) -> Option<Call>
+    ensures { result ≡ read_entry tokens.old }
+{
+    let (handle, reader, key, value_type) = entry_parts(tokens)?;
+    Some(Call::Entry {
+        handle,
+        reader,
+        key,
+        value_type,
+    })
+}
+
+#[inline(never)]
+fn entrymut_of(tokens: &mut Tokens) -> Option<Call>
+    ensures { result ≡ read_entrymut tokens.old }
+{
+    let (handle, writer, key, value_type) = entry_parts(tokens)?;
+    Some(Call::EntryMut {
+        handle,
+        writer,
+        key,
+        value_type,
+    })
+}
+
 // The call of a word with two names or one behind it.
 #[tactic(auto, unfolding(script_grammar::specs::LineReading::read_named_call))]
 fn named_call_of(word: &[u8], tokens: &mut Tokens) -> Option<Call>
     ensures { result ≡ read_named_call word.now tokens.old }
 {
     if is_word(word, b"reader") {
-        let (reader, factory) = two_names(tokens)?;
-        return Some(Call::Reader { reader, factory });
+        return reader_of(tokens);
     }
     if is_word(word, b"writer") {
-        let (writer, factory) = two_names(tokens)?;
-        return Some(Call::Writer { writer, factory });
+        return writer_of(tokens);
     }
     if is_word(word, b"fresh") {
-        let (handle, value) = two_names(tokens)?;
-        return Some(Call::Fresh { handle, value });
+        return fresh_of(tokens);
     }
     if is_word(word, b"loan") {
-        let (loan, handle) = two_names(tokens)?;
-        return Some(Call::Loan { loan, handle });
+        return loan_of(tokens);
     }
     if is_word(word, b"discard") {
-        let (loan, handle) = two_names(tokens)?;
-        return Some(Call::Discard { loan, handle });
+        return discard_of(tokens);
     }
     if is_word(word, b"publish") {
-        let (loan, handle) = two_names(tokens)?;
-        return Some(Call::Publish { loan, handle });
+        return publish_of(tokens);
     }
     if is_word(word, b"gen") {
-        let handle = one_name(tokens)?;
-        return Some(Call::Gen { handle });
+        return gen_of(tokens);
     }
     if is_word(word, b"keys") {
-        let factory = one_name(tokens)?;
-        return Some(Call::Keys { factory });
+        return keys_of(tokens);
     }
     if is_word(word, b"nodes") {
-        let factory = one_name(tokens)?;
-        return Some(Call::Nodes { factory });
+        return nodes_of(tokens);
     }
     if is_word(word, b"info") {
-        let factory = one_name(tokens)?;
-        return Some(Call::Info { factory });
+        return info_of(tokens);
     }
     if is_word(word, b"id") {
-        let thing = one_name(tokens)?;
-        return Some(Call::Id { thing });
+        return id_of(tokens);
     }
     None
 }
 
 // The call of a word, but for the two that have optional parts.
 #[tactic(auto, unfolding(script_grammar::specs::LineReading::read_plain_call))]
+#[inline(never)]
 fn plain_call_of(word: &[u8], tokens: &mut Tokens) -> Option<Call>
     ensures { result ≡ read_plain_call word.now tokens.old }
 {
     if is_word(word, b"entry") {
-        let (handle, reader, key, value_type) = entry_parts(tokens)?;
-        return Some(Call::Entry {
-            handle,
-            reader,
-            key,
-            value_type,
-        });
+        return entry_of(tokens);
     }
     if is_word(word, b"entrymut") {
-        let (handle, writer, key, value_type) = entry_parts(tokens)?;
-        return Some(Call::EntryMut {
-            handle,
-            writer,
-            key,
-            value_type,
-        });
+        return entrymut_of(tokens);
     }
     if is_word(word, b"get") {
         return get_of(tokens);
@@ -244,6 +342,7 @@ fn collect_create(alloc: Global, tokens: &mut Tokens) -> Result<Option<Call>, Al
 }
 
 // Where memory is refused in the midst of it, what is left is looked at all the same: a line outside the grammar wants none.
+#[inline(never)]
 fn create_of(alloc: Global, tokens: &mut Tokens) -> Result<Option<Call>, Made>
     ensures read { IfOk result (λ o. o ≡ read_create tokens.old) }
     ensures memory { IfErr result (λ made. and_then (read_create tokens.old) board_made ≡ Some made) }
@@ -308,6 +407,7 @@ fn collect_open(alloc: Global, tokens: &mut Tokens) -> Result<Option<Call>, Allo
 }
 
 // The same as for a `create`.
+#[inline(never)]
 fn open_of(alloc: Global, tokens: &mut Tokens) -> Result<Option<Call>, Made>
     ensures read { IfOk result (λ o. o ≡ read_open tokens.old) }
     ensures memory { IfErr result (λ made. and_then (read_open tokens.old) board_made ≡ Some made) }

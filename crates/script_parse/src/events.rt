@@ -272,6 +272,7 @@ fn expire_of(tokens: &mut Tokens) -> Option<ScriptLine>
 
 // The line of events that these tokens make.
 #[tactic(auto, unfolding(script_grammar::specs::EventReading::read_event_line))]
+#[inline(never)]
 pub(crate) fn event_line_of(
     alloc: Global,
     tokens: &mut Tokens,

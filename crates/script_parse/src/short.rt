@@ -13,7 +13,7 @@ ghost use Rattle.script_model.specs.ScriptGrammar.{SpellsLine};
 ghost use Rattle.script_parse.specs.Short.{IsCut};
 
 use crate::atoms::{name_of, number_of};
-use crate::bytes::{bytes_behind, place_of};
+use crate::bytes::place_of;
 use crate::events::{count_of, mode_of};
 use crate::parse::MOST_BYTES;
 use crate::values::value_of;
@@ -29,17 +29,39 @@ fn parted(text: &[u8]) -> Option<(&[u8], &[u8])>
     Some((&text[..at], &text[at + 1..]))
 }
 
+// What stands behind the word of a step. Words are compared byte by byte, since most differ in the first.
+#[inline(always)]
+fn behind_step(bytes: &[u8]) -> Option<&[u8]>
+    ensures { option_map (λ rest. rest.now) result ≡ behind (codes "step ") bytes.now }
+{
+    match bytes {
+        [b's', b't', b'e', b'p', b' ', rest @ ..] => Some(rest),
+        _ => None,
+    }
+}
+
+// What stands behind the word of a line that begins a call.
+#[inline(always)]
+fn behind_begin(bytes: &[u8]) -> Option<&[u8]>
+    ensures { option_map (λ rest. rest.now) result ≡ behind (codes "begin ") bytes.now }
+{
+    match bytes {
+        [b'b', b'e', b'g', b'i', b'n', b' ', rest @ ..] => Some(rest),
+        _ => None,
+    }
+}
+
 /// The party of a line that begins a call, and what it asks, as bytes.
 #[inline(always)]
 pub fn cut_at_call(bytes: &[u8]) -> Option<(&[u8], &[u8])>
     ensures { IfSome result (λ parts. IsCut bytes.now parts.0.now parts.1.now) }
 {
-    let begun = bytes_behind(bytes, b"begin ")?;
+    let begun = behind_begin(bytes)?;
     let (front, asked) = parted(begun)?;
     Some((front, asked))
 }
 
-// What stands behind the word of an update. The words of calls are compared byte by byte, since most differ in the first.
+// What stands behind the word of an update.
 #[inline(always)]
 fn behind_update(asked: &[u8]) -> Option<&[u8]>
     ensures { option_map (λ rest. rest.now) result ≡ behind (codes "update ") asked.now }
@@ -88,7 +110,7 @@ fn behind_wait(asked: &[u8]) -> Option<&[u8]>
 pub fn step_of(bytes: &[u8]) -> Option<Name>
     ensures { IfSome result (λ party. SpellsLine bytes.now (line.Board (board_line.Step party))) }
 {
-    let rest = bytes_behind(bytes, b"step ")?;
+    let rest = behind_step(bytes)?;
     let party = name_of(rest)?;
     Some(party)
 }

@@ -1,10 +1,10 @@
 //! Values and added entries, from their tokens.
-ghost use Rattle.std.specs.Prelude.{◌≡◌, IfOk};
+ghost use Rattle.std.specs.Prelude.{◌≡◌, IfOk, None, codes};
 ghost use Rattle.std.specs.List.{list_all};
 ghost use Rattle.std.specs.Option.{option_map};
 ghost use Rattle.board_model.specs.LawfulSession.{has_key_type};
 ghost use Rattle.script_grammar.specs.LineReading.{read_entries, read_entry};
-ghost use Rattle.script_grammar.specs.TokenReading.{first_by, read_four, read_value};
+ghost use Rattle.script_grammar.specs.TokenReading.{behind, first_by, read_four, read_value};
 ghost use Rattle.script_parse.specs.Tokens.{with_rest};
 
 use crate::atoms::{key_of, number_of};
@@ -25,8 +25,11 @@ fn four_of(parts: &mut Tokens) -> Option<Value>
     Some(Value::Q4(a, b, c, d))
 }
 
+// A value that isn't a number of 64 bits. Apart, since few are not.
+#[inline(never)]
 #[tactic(auto, unfolding(script_grammar::specs::TokenReading::read_value, script_grammar::specs::TokenReading::read_words_behind))]
-pub(crate) fn value_of(text: &[u8]) -> Option<Value>
+fn rare_value_of(text: &[u8]) -> Option<Value>
+    requires { behind (codes "u64:") text.now ≡ None }
     ensures { result ≡ read_value text.now }
 {
     if is_word(text, b"bool:true") {
@@ -35,13 +38,22 @@ pub(crate) fn value_of(text: &[u8]) -> Option<Value>
     if is_word(text, b"bool:false") {
         return Some(Value::Bool(false));
     }
-    match bytes_behind(text, b"u64:") {
-        Some(digits) => Some(Value::U64(number_of(digits)?)),
-        None => four_of(&mut Tokens::between(bytes_behind(text, b"q4:")?, b',')),
+    four_of(&mut Tokens::between(bytes_behind(text, b"q4:")?, b','))
+}
+
+#[inline(always)]
+#[tactic(auto, unfolding(script_grammar::specs::TokenReading::read_value, script_grammar::specs::TokenReading::read_words_behind))]
+pub(crate) fn value_of(text: &[u8]) -> Option<Value>
+    ensures { result ≡ read_value text.now }
+{
+    match text {
+        [b'u', b'6', b'4', b':', digits @ ..] => Some(Value::U64(number_of(digits)?)),
+        _ => rare_value_of(text),
     }
 }
 
 impl<'a> Tokens<'a> {
+    #[inline(never)]
     pub(crate) fn value(&mut self) -> Option<Value>
         ensures { with_rest result self.new ≡ first_by read_value self.old }
     {
