@@ -56,6 +56,7 @@ fn value_type_of(kept: &KeptType) -> ValueType
 }
 
 // Whether an entry has values of this type.
+#[inline(always)]
 fn is_type_of(value_type: ValueType, entry: &EntryRow) -> bool
     ensures { result ≡ types.same_type (types.value_detail value_type) entry.now.value }
 {
@@ -67,6 +68,7 @@ fn is_type_of(value_type: ValueType, entry: &EntryRow) -> bool
 }
 
 /// Whether a value is of an entry's type.
+#[inline(always)]
 pub(crate) fn is_value_of(value: Value, entry: &EntryRow) -> bool
     ensures { result ≡ types.same_type (types.value_detail (types.type_of value)) entry.now.value }
 {

@@ -47,6 +47,7 @@ fn earlier(
 }
 
 // The number of the first thing that the party holds under the name, looked for among all names: no index tells it.
+#[inline(never)]
 fn first_number(seat: &Seat, names: &HashMap<u64, ShortSeat>) -> Option<u64>
     ensures { result ≡ numbered.earliest (is_seat seat.now) (λ n. get nat_eq names.now n) None
         (keys names.now) }
@@ -59,6 +60,7 @@ fn first_number(seat: &Seat, names: &HashMap<u64, ShortSeat>) -> Option<u64>
 }
 
 // The number of the first thing that the party holds under the name, by what an index knows of it.
+#[inline(always)]
 fn number_in(sought: Sought, seat: &Seat, names: &HashMap<u64, ShortSeat>) -> Option<u64>
     ensures { (things : ℕ → Option held.Held) → AreNames (λ n. get nat_eq names.now n) things
         → seats.Finds (is_at seat.now) things sought → IsFirst (is_at seat.now) things result }

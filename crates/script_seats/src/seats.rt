@@ -46,6 +46,7 @@ impl Seats {
     }
 
     /// What stands under a name of a party.
+    #[inline(always)]
     pub fn find(&self, seat: &Seat) -> Sought
         ensures found { (things : ℕ → Option held.Held) → IsIndex self.now things
             → Finds (is_at seat.now) things result }
