@@ -23,6 +23,7 @@ fn full_name(event: &EventName) -> FilePath
 }
 
 /// Makes an event with its listener, where its name is free.
+#[inline(never)]
 pub(crate) fn listen(
     events: &mut Events,
     things: &mut Things,
@@ -54,6 +55,7 @@ pub(crate) fn listen(
 }
 
 /// Makes a notifier of an event that has its listener.
+#[inline(never)]
 pub(crate) fn add_notifier(
     events: &mut Events,
     things: &mut Things,

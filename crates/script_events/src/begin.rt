@@ -20,6 +20,7 @@ impl PartyEvents {
     ///
     /// # Errors
     /// `AllocError` where memory is refused, and no rule refuses the call. Then nothing has changed.
+    #[inline(always)]
     pub fn begin(
         &mut self,
         party: Name,
@@ -42,6 +43,7 @@ impl PartyEvents {
     }
 
     /// The call that is to begin, or why it is refused.
+    #[inline(always)]
     fn check(&self, party: &Name, request: EventRequest, taken: bool) -> Result<CallTask, Reason>
         requires { IsLed self.now }
         ensures { OfEach self.now (λ x. IsCheckedBy x party.now request taken result) }

@@ -42,6 +42,7 @@ impl PartyEvents {
     /// # Errors
     /// `AllocError` where memory is refused: only where a listener or a notifier is made, or an access gives ids. The call then
     /// runs no more, and what it has done to the events is not undone. Parties hold what they held, and other calls run on.
+    #[inline(always)]
     pub fn step(&mut self, party: &Name) -> Result<Stepped, AllocError>
         requires led { IsLed self.old }
         requires runs { OfEach self.old (λ x. runs_on_events x party.now ≡ true) }

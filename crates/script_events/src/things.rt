@@ -35,6 +35,7 @@ impl Things {
     }
 
     /// What a party holds under a name.
+    #[inline(always)]
     pub(crate) fn get(&self, party: &Name, name: &Name) -> Option<Holding>
         ensures { result ≡ held_in self.now party.now name.now }
     {

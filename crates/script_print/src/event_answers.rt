@@ -1,11 +1,11 @@
 //! The bytes of answers to lines of events, which are added to a buffer of the caller's.
-ghost use Rattle.std.specs.Prelude.{◌≡◌, ◌≤◌, ◌++◌, OnErr, OnOk, codes, vec_capacity};
+ghost use Rattle.std.specs.Prelude.{◌≡◌, ◌≤◌, ◌++◌, OnErr, OnOk, Some, vec_capacity};
 ghost use Rattle.std.specs.Option.{option_map};
 ghost use Rattle.board_event_model.specs.WaitCalls.{word_in};
 ghost use Rattle.board_model.specs.AnswerGrammar.{number_text};
-ghost use Rattle.script_model.specs.ScriptAnswers.{event_access_text, event_reply_text, event_text, event_told_text, expired, found_text, of_ask, of_event, popped_text, script_answer_line};
-ghost use Rattle.script_model.specs.ScriptGrammar.{kind_text};
+ghost use Rattle.script_model.specs.ScriptAnswers.{event_access_text, event_reply_text, expired, found_text, of_ask, of_event, popped_text, script_answer_line};
 ghost use Rattle.script_print.specs.Room.{LacksRoomFor};
+ghost use Rattle.script_print.specs.Texts.{end_text, of_kind};
 
 use crate::answers::{push_number, push_numbers};
 use crate::names::notify_error_path;
@@ -14,34 +14,26 @@ use board_event_model::{EventAccess, EventAnswer, EventKind};
 use script_model::EventReply;
 use std::alloc::AllocError;
 
-// Adds the kind of an event, and the colon that parts it from the event's name.
-#[inline(always)]
-fn push_kind(kind: EventKind, out: &mut Vec<u8>) -> Result<(), AllocError>
-    ensures ok { OnOk result (out.new.items ≡ out.old.items ++ (kind_text kind ++ codes ":")) }
-    ensures room { OnErr result (LacksRoomFor out.old (kind_text kind ++ codes ":")) }
-    ensures grows { vec_capacity out.old ≤ vec_capacity out.new }
-{
-    match kind {
-        EventKind::Bits => out.extend_from_slice(b"bits:"),
-        EventKind::Queue => out.extend_from_slice(b"queue:"),
-    }
-}
-
-// Adds an event as an access prints it, behind the word of the access. Inlined, so that the word is copied as it stands there.
+// Adds an event as an access prints it, behind the word of the access. The word stands before the name of either kind, so
+// that both are copied in one go; inlined, so that they are copied as they stand there.
 #[inline(always)]
 fn push_event(
-    word: &[u8],
+    on_bits: &[u8],
+    on_queue: &[u8],
     kind: EventKind,
     name: &[u8],
     out: &mut Vec<u8>,
 ) -> Result<(), AllocError>
     ensures ok { OnOk result (out.new.items
-        ≡ out.old.items ++ (word.now ++ event_text kind name.now)) }
-    ensures room { OnErr result (LacksRoomFor out.old (word.now ++ event_text kind name.now)) }
+        ≡ out.old.items ++ (of_kind kind on_bits.now on_queue.now ++ name.now)) }
+    ensures room { OnErr result (LacksRoomFor out.old
+        (of_kind kind on_bits.now on_queue.now ++ name.now)) }
     ensures grows { vec_capacity out.old ≤ vec_capacity out.new }
 {
-    out.extend_from_slice(word)?;
-    push_kind(kind, out)?;
+    match kind {
+        EventKind::Bits => out.extend_from_slice(on_bits)?,
+        EventKind::Queue => out.extend_from_slice(on_queue)?,
+    }
     out.extend_from_slice(name)
 }
 
@@ -106,33 +98,33 @@ fn push_event_access(
 {
     match access {
         EventAccess::Listener => {
-            push_event(b"listener ", kind, name, out)?;
+            push_event(b"listener bits:", b"listener queue:", kind, name, out)?;
             push_found(answer, out)
         }
         EventAccess::Set(id) => {
-            push_event(b"set ", kind, name, out)?;
+            push_event(b"set bits:", b"set queue:", kind, name, out)?;
             push_number(id, out)
         }
-        EventAccess::Post => push_event(b"post ", kind, name, out),
-        EventAccess::Push(_) => push_event(b"push ", kind, name, out),
+        EventAccess::Post => push_event(b"post bits:", b"post queue:", kind, name, out),
+        EventAccess::Push(_) => push_event(b"push bits:", b"push queue:", kind, name, out),
         EventAccess::Signal => {
-            push_event(b"signal ", kind, name, out)?;
+            push_event(b"signal bits:", b"signal queue:", kind, name, out)?;
             push_found(answer, out)
         }
         EventAccess::Scan(word) => {
-            push_event(b"scan ", kind, name, out)?;
+            push_event(b"scan bits:", b"scan queue:", kind, name, out)?;
             push_read(word, answer, out)
         }
         EventAccess::Clear(id) => {
-            push_event(b"clear ", kind, name, out)?;
+            push_event(b"clear bits:", b"clear queue:", kind, name, out)?;
             push_number(id, out)
         }
         EventAccess::Swap(word) => {
-            push_event(b"swap ", kind, name, out)?;
+            push_event(b"swap bits:", b"swap queue:", kind, name, out)?;
             push_read(word, answer, out)
         }
         EventAccess::Pop => {
-            push_event(b"pop ", kind, name, out)?;
+            push_event(b"pop bits:", b"pop queue:", kind, name, out)?;
             push_popped(answer, out)
         }
     }
@@ -158,20 +150,36 @@ fn push_event_reply(reply: &EventReply, out: &mut Vec<u8>) -> Result<(), AllocEr
     }
 }
 
-// Adds what is told with the last step of a call on events.
-fn push_event_told(told: Option<&EventReply>, out: &mut Vec<u8>) -> Result<(), AllocError>
+// Adds what is told with the last step of a call on events, and ends the line.
+#[inline(never)]
+fn push_told(reply: &EventReply, out: &mut Vec<u8>) -> Result<(), AllocError>
+    ensures ok { OnOk result (out.new.items ≡ out.old.items ++ end_text (Some reply.now)) }
+    ensures room { OnErr result (LacksRoomFor out.old (end_text (Some reply.now))) }
+    ensures grows { vec_capacity out.old ≤ vec_capacity out.new }
+{
+    out.extend_from_slice(b" = ")?;
+    push_event_reply(reply, out)?;
+    out.push(b'\n')?;
+    Ok(())
+}
+
+// Ends the line of a step, with what its call is told where it ended. What most calls are told is copied with the newline.
+#[inline(always)]
+fn push_end(told: Option<&EventReply>, out: &mut Vec<u8>) -> Result<(), AllocError>
     ensures ok { OnOk result (out.new.items
-        ≡ out.old.items ++ event_told_text (option_map (λ reply. reply.now) told.entry)) }
+        ≡ out.old.items ++ end_text (option_map (λ reply. reply.now) told.entry)) }
     ensures room { OnErr result (LacksRoomFor out.old
-        (event_told_text (option_map (λ reply. reply.now) told.entry))) }
+        (end_text (option_map (λ reply. reply.now) told.entry))) }
     ensures grows { vec_capacity out.old ≤ vec_capacity out.new }
 {
     match told {
-        None => Ok(()),
-        Some(reply) => {
-            out.extend_from_slice(b" = ")?;
-            push_event_reply(reply, out)
+        None => {
+            out.push(b'\n')?;
+            Ok(())
         }
+        Some(EventReply::Done) => out.extend_from_slice(b" = ok\n"),
+        Some(EventReply::Nothing) => out.extend_from_slice(b" = none\n"),
+        Some(reply) => push_told(reply, out),
     }
 }
 
@@ -196,9 +204,7 @@ pub fn push_event_step(
     ensures grows { vec_capacity out.old ≤ vec_capacity out.new }
 {
     push_event_access(kind, name, access, answer, out)?;
-    push_event_told(told, out)?;
-    out.push(b'\n')?;
-    Ok(())
+    push_end(told, out)
 }
 
 /// Adds the line of a step that asked for a listener or a notifier.
