@@ -1,6 +1,7 @@
 //! Lines of boards, and those that boards and events share.
 ghost use Rattle.std.specs.Prelude.{◌≡◌, ◌+◌, ◌++◌, ◌≤◌, [], true, false, None, OnErr, OnOk, vec_capacity};
 ghost use Rattle.std.specs.List.{AllByRecursion};
+ghost use Rattle.board_event_model.specs.EventMemory.{kind_of_access};
 ghost use Rattle.board_model.specs.declared.answer.Answer.TheVariants as answer;
 ghost use Rattle.board_model.specs.declared.line.Call.TheVariants as call;
 ghost use Rattle.board_model.specs.declared.line.Line.TheVariants as board_line;
@@ -19,6 +20,7 @@ ghost use Rattle.script_machine.specs.Wants.{BoardMayWant};
 
 use crate::machine::Machine;
 use board_cell_model::Access;
+use board_event_model::{EventAccess, EventKind};
 use board_model::{Answer, Call, Name, Reason, Reply, Value};
 use board_service::BoardWords;
 use script_boards::ShortWay;
@@ -51,6 +53,17 @@ fn push_begin(refusal: Option<Reason>, out: &mut Vec<u8>) -> Result<(), AllocErr
     match refusal {
         None => push_begun(out),
         Some(why) => push_refused(why, out),
+    }
+}
+
+// The kind of an event that takes such an access.
+#[inline(always)]
+fn kind_of(access: EventAccess) -> EventKind
+    ensures { result ≡ kind_of_access access }
+{
+    match access {
+        EventAccess::Push(_) | EventAccess::Pop => EventKind::Queue,
+        _ => EventKind::Bits,
     }
 }
 
@@ -221,7 +234,8 @@ impl<C: BoardWords + Drop> Machine<C> {
         push_answer(&answer, out)
     }
 
-    // A step of a party whose call on events runs.
+    // A step of a party whose call on events runs. Apart, so that a step on boards doesn't pay for it.
+    #[inline(never)]
     fn step_on_events(&mut self, party: &Name, out: &mut Vec<u8>) -> Result<(), AllocError>
         requires led { IsLed self.old }
         requires line { IsLine (board_line.Step party.now) }
@@ -241,7 +255,7 @@ impl<C: BoardWords + Drop> Machine<C> {
                 answer,
                 told,
             } => push_event_step(
-                self.events.kind_of(event),
+                kind_of(access),
                 self.events.name_of(event),
                 access,
                 answer,

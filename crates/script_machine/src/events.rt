@@ -8,10 +8,10 @@ ghost use Rattle.script_machine.specs.ScriptMachine.{IsLed, OfEachState, Tells, 
 ghost use Rattle.script_machine.specs.Wants.{MayWant};
 
 use crate::machine::Machine;
-use board_model::{Answer, Name, Reason};
+use board_model::{Name, Reason};
 use board_service::BoardWords;
 use script_model::{EventRequest, name_made};
-use script_print::{push_answer, push_expired, push_refused};
+use script_print::{push_begun, push_expired, push_refused};
 use std::alloc::AllocError;
 
 // Why an expiry is refused of a party that isn't free: a call on boards is no timed wait.
@@ -61,7 +61,7 @@ impl<C: BoardWords + Drop> Machine<C> {
         let taken = self.takes_board_name(&party, &request);
         match self.events.begin(party, request, taken)? {
             Some(why) => push_refused(why, out),
-            None => push_answer(&Answer::Begun, out),
+            None => push_begun(out),
         }
     }
 

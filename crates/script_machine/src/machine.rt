@@ -158,15 +158,23 @@ impl<C: BoardWords + Drop> Machine<C> {
         let Some((front, asked)) = cut_at_call(bytes) else {
             return self.answer_parsed(bytes, out);
         };
-        if let Some((party, handle, value)) = update_at(bytes, front, asked) {
-            self.begin_update(party, handle, value, out)?;
-            return Ok(true);
+        match asked {
+            [b'u', ..] => {
+                let Some((party, handle, value)) = update_at(bytes, front, asked) else {
+                    return self.answer_parsed(bytes, out);
+                };
+                self.begin_update(party, handle, value, out)?;
+                Ok(true)
+            }
+            [b'g', ..] => {
+                let Some((party, handle)) = get_at(bytes, front, asked) else {
+                    return self.answer_parsed(bytes, out);
+                };
+                self.begin_get(party, handle, out)?;
+                Ok(true)
+            }
+            _ => self.answer_call(bytes, front, asked, out),
         }
-        if let Some((party, handle)) = get_at(bytes, front, asked) {
-            self.begin_get(party, handle, out)?;
-            return Ok(true);
-        }
-        self.answer_call(bytes, front, asked, out)
     }
 
     // The same, with a short way for steps. The other lines are apart, so that a step doesn't pay for them.

@@ -39,7 +39,7 @@ returns-in-None-clause-tells g c = on_ok (λ e s count rep reached.
     let turned = c.in_ok-why.ensures.told s.events count reached.few reached.sound.events rep.events s.boards (c.takes_board_name-taken.ensures s count rep reached) in
     begun_told _ s (line.Event c.args.party c.args.request) c.args.party c.args.request _
     (event_turn s c.args.party c.args.request runs free) c.requires.line (sym c.in-None.is ∙ turned.told_is)
-    (λ a. record { alive = rep.alive; boards = rep.boards; events = turned.represents a }) (from_nothing _ _ _ c.requires.empty e)) c.push_answer.result c.push_answer.ensures.ok
+    (λ a. record { alive = rep.alive; boards = rep.boards; events = turned.represents a }) (from_nothing _ _ _ c.requires.empty e)) c.push_begun.result c.push_begun.ensures.ok
 
 pub returns-then-runs-clause-memory : goal.returns-then-runs-clause-memory
 returns-then-runs-clause-memory g c =
@@ -72,7 +72,7 @@ returns-in_err-why-clause-memory g c =
 
 pub returns-in-None-clause-memory : goal.returns-in-None-clause-memory
 returns-in-None-clause-memory g c =
-    takes_anyway c.push_answer.result c.args.self.now (line.Event c.args.party c.args.request) c.args.out.now (λ s count rep reached.
+    takes_anyway c.push_begun.result c.args.self.now (line.Event c.args.party c.args.request) c.args.out.now (λ s count rep reached.
     let runs : runs_on_events s.events c.args.party ≡ false = sym (c.runs.ensures s.events count reached.few reached.sound.events rep.events) ∙ c.if-runs.false in
     let free : None ≡ free_reason (s.boards.parties c.args.party) None = sym c.in_default.is ∙ c.refusal_of_party.ensures.reason s.boards rep.boards in
     let turned = c.in_ok-why.ensures.told s.events count reached.few reached.sound.events rep.events s.boards (c.takes_board_name-taken.ensures s count rep reached) in

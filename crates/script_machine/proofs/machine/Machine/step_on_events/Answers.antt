@@ -5,7 +5,7 @@ use Rattle.board_model.specs.declared.line.Line.TheVariants as board_line
 use Rattle.script_boards.proofs.Listings.{on_ok}
 use Rattle.script_events.specs.declared.step.Stepped.{Stepped}
 use Rattle.script_events.specs.PartyEvents.{IsStepped}
-use Rattle.script_events.proofs.Shown.{access_shown, ask_shown, event_stands}
+use Rattle.script_events.proofs.Shown.{access_shown, ask_shown, event_stands, kind_shown}
 use Rattle.script_model.specs.declared.line.ScriptLine.TheVariants as line
 use Rattle.script_model.specs.ScriptAnswers.{of_ask, of_event, script_answer_line}
 use Rattle.script_model.specs.ScriptEvents.{runs_on_events}
@@ -21,8 +21,8 @@ use Rattle.script_machine.proofs.machine.Machine.step_on_events.Goals as goal
 pub step-requires-clause-runs : goal.step-requires-clause-runs
 step-requires-clause-runs g c = c.requires.runs
 
-pub kind_of-requires : goal.kind_of-requires
-kind_of-requires g c =
+pub name_of-requires : goal.name_of-requires
+name_of-requires g c =
     let led = c.requires.led in
     let s = led.state in
     let stepped = subst (λ (t : Stepped). IsStepped c.step.new.self s.events c.args.party.now t) c.in-Acted.is (c.in_ok-reply.ensures.told s.events led.count led.reached.few led.reached.sound.events led.represents.events) in
@@ -40,7 +40,9 @@ pub returns-in-Acted-clause-tells : goal.returns-in-Acted-clause-tells
 returns-in-Acted-clause-tells g c = on_ok (λ e s count rep reached.
     let runs : runs_on_events s.events c.args.party.now ≡ true = c.requires.runs s.events count reached.few reached.sound.events rep.events in
     let stepped = subst (λ (t : Stepped). IsStepped c.step.new.self s.events c.args.party.now t) c.in-Acted.is (c.in_ok-reply.ensures.told s.events count reached.few reached.sound.events rep.events) in
-    let shown = access_shown c.step.new.self s.events c.args.party.now c.in-Acted.event c.in-Acted.access c.in-Acted.answer c.in-Acted.told c.kind_of.result c.name_of.result.now stepped c.kind_of.ensures c.name_of.ensures in
+    let formed = step_formed_so s (line.Board (board_line.Step c.args.party.now)) count c.args.party.now stepped.answer reached.sound reached.few stepped.right in
+    let kind = kind_shown c.step.new.self s.events c.args.party.now c.in-Acted.event c.in-Acted.access c.in-Acted.answer c.in-Acted.told c.kind_of.result c.kind_of.ensures stepped formed in
+    let shown = access_shown c.step.new.self s.events c.args.party.now c.in-Acted.event c.in-Acted.access c.in-Acted.answer c.in-Acted.told c.kind_of.result c.name_of.result.now stepped kind c.name_of.ensures in
     let printed = e ∙ ap (λ (t : Option EventReply). c.args.out.now.items ++ script_answer_line (of_event c.kind_of.result c.name_of.result.now c.in-Acted.access c.in-Acted.answer t)) c.as_ref.ensures.value in
     told_turn _ s (line.Board (board_line.Step c.args.party.now)) (steps c.args.party.now) (of_event c.kind_of.result c.name_of.result.now c.in-Acted.access c.in-Acted.answer c.in-Acted.told) _ (step_taken s c.args.party.now runs) c.requires.line shown.right (step_formed_so s (line.Board (board_line.Step c.args.party.now)) count c.args.party.now _ reached.sound reached.few shown.right)
     (record { alive = rep.alive; boards = rep.boards; events = shown.represents }) (from_nothing _ _ _ c.requires.empty printed)) c.push_event_step.result c.push_event_step.ensures.ok
@@ -71,8 +73,10 @@ returns-in-Acted-clause-memory g c =
     let m = c.args.self.now in
     let p = c.args.party.now in
     let shown = λ (s : ScriptState) (count : ℕ) (rep : Represents m s) (reached : IsReached s count).
-    access_shown c.step.new.self s.events p c.in-Acted.event c.in-Acted.access c.in-Acted.answer c.in-Acted.told c.kind_of.result c.name_of.result.now
-    (subst (λ (t : Stepped). IsStepped c.step.new.self s.events p t) c.in-Acted.is (c.in_ok-reply.ensures.told s.events count reached.few reached.sound.events rep.events)) c.kind_of.ensures c.name_of.ensures in
+    let stepped = subst (λ (t : Stepped). IsStepped c.step.new.self s.events p t) c.in-Acted.is (c.in_ok-reply.ensures.told s.events count reached.few reached.sound.events rep.events) in
+    let formed = step_formed_so s (line.Board (board_line.Step p)) count p stepped.answer reached.sound reached.few stepped.right in
+    let kind = kind_shown c.step.new.self s.events p c.in-Acted.event c.in-Acted.access c.in-Acted.answer c.in-Acted.told c.kind_of.result c.kind_of.ensures stepped formed in
+    access_shown c.step.new.self s.events p c.in-Acted.event c.in-Acted.access c.in-Acted.answer c.in-Acted.told c.kind_of.result c.name_of.result.now stepped kind c.name_of.ensures in
     let text = λ (n : List ℕ) (t : Option EventReply). script_answer_line (of_event c.kind_of.result n c.in-Acted.access c.in-Acted.answer t) in
     let named = ap (λ (t : Option EventReply). text c.name_of.result.now t) c.as_ref.ensures.value in
     let lacks = subst (λ (bytes : List ℕ). OnErr c.push_event_step.result (LacksRoomFor c.args.out.now bytes)) named c.push_event_step.ensures.room in
